@@ -1,7 +1,6 @@
 //! What may be copied from one function to another.
 use crate::entries::ListEntry;
 use crate::words::{NEVER_COPIED, SEES_FRAME};
-use pliron_text_mlir_syntax::OperationForm;
 
 // Whether an operation with this entry may be copied.
 fn allows_copy(entry: &ListEntry) -> bool {
@@ -12,9 +11,8 @@ fn allows_copy(entry: &ListEntry) -> bool {
     }
 }
 
-/// Whether an operation of the form, with these entries, may be copied to another function: it has no location, which would
-/// be one of the other function, no mark that its function's frame stays, and nothing that holds for one run of its function.
-/// Cost: linear in the entries.
-pub(crate) fn may_be_copied(form: &OperationForm, entries: &[ListEntry]) -> bool {
-    form.location.is_none() && entries.iter().all(allows_copy)
+/// Whether an operation with these entries may be copied to another function: it has no mark that its function's frame stays,
+/// and nothing that holds for one run of its function. Cost: linear in the entries.
+pub(crate) fn may_be_copied(entries: &[ListEntry]) -> bool {
+    entries.iter().all(allows_copy)
 }

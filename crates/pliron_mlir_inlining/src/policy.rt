@@ -120,7 +120,8 @@ fn form_facts(
         _ => NOTHING_ALLOWED.function,
     };
     Ok(FormFacts {
-        allows_copy: may_be_copied(form, &entries),
+        // a copy would have a location of another function
+        allows_copy: sheet.num_operation_location() == 0 && may_be_copied(&entries),
         is_plain_call: is_plain_call(&entries),
         size: size_of_name(name),
         function,

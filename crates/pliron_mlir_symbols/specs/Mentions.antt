@@ -1,5 +1,5 @@
 -- Names that texts have behind `@`.
-use Rattle.std.specs.Prelude.{◌==◌, ◌||◌, ◌&&◌, ◌≡◌, ◌<◌, ◌++◌, ℕ, Bool, true, false, not, nat_eq, nat_lt, List, [], ◌∷◌, length, take_while, Option, Some, None, if◌then◌else◌, IsTrue, codes, unwrap_or}
+use Rattle.std.specs.Prelude.{◌==◌, ◌||◌, ◌&&◌, ◌≡◌, ◌<◌, ◌++◌, ℕ, Bool, true, false, not, nat_eq, nat_lt, List, [], ◌∷◌, length, slice_get, take_while, Option, Some, None, if◌then◌else◌, IsTrue, codes, unwrap_or}
 use Rattle.std.specs.List.{list_any}
 use Rattle.std.specs.Char.{is_ascii_alphanumeric}
 use Rattle.std.specs.Cmp.Lexicographic.{pointwise}
@@ -70,11 +70,14 @@ HasLists m sheet form = is_call_name (unwrap_or (text_at sheet form.name) []) �
 pub record HasFormTexts (m : MentionedNames) (sheet : Sheet) (form : OperationForm) : Type 0 where
   pub name : HasText m sheet form.name
   pub results : HasText m sheet form.results
-  pub location : HasTextOf m sheet form.location
   pub lists : HasLists m sheet form
 
 abbrev pub HasNumbered : MentionedNames → Sheet → ℕ → Type 0
 HasNumbered m sheet number = (form : OperationForm) → sheet_form sheet number ≡ Some form → HasFormTexts m sheet form
+
+-- the names have each in the location of the operation of this index among those that have one
+abbrev pub HasLocated : MentionedNames → Sheet → ℕ → Type 0
+HasLocated m sheet i = (entry : ℕ × ℕ) → slice_get sheet.operation_locations.items i ≡ Some entry → HasText m sheet entry.1
 
 -- ---- answers
 

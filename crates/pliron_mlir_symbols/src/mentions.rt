@@ -3,7 +3,7 @@ ghost use Rattle.std.specs.Prelude.{◌≡◌, ◌≤◌, ℕ, length, take_whil
 ghost use Rattle.pliron_text_mlir_syntax.specs.Sheets.{option_now};
 ghost use Rattle.pliron_mlir_symbols.specs.Mentions.{is_name_byte as is_name_byte_of, before_quote, without_escape as without_escape_of};
 ghost use Rattle.pliron_mlir_symbols.specs.Mentions.{quoted_name as quoted_name_of, mentioned_name, has_if_said, HasAll, KeepsNames};
-ghost use Rattle.pliron_mlir_symbols.specs.Mentions.{is_call_name, HasTextOf, HasLists, HasFormTexts, HasNumbered, name_in_quotes, may_have_name};
+ghost use Rattle.pliron_mlir_symbols.specs.Mentions.{is_call_name, HasTextOf, HasLists, HasFormTexts, HasNumbered, HasLocated, name_in_quotes, may_have_name};
 
 use crate::lists::{NamedValue, values_of};
 use indexmap::IndexSet;
@@ -179,7 +179,6 @@ impl MentionedNames {
     {
         self.add_text(Some(form.name), sheet)?;
         self.add_text(Some(form.results), sheet)?;
-        self.add_text(form.location, sheet)?;
         self.add_lists(form, sheet)
     }
 
@@ -205,12 +204,35 @@ impl MentionedNames {
         Ok(())
     }
 
+    // The same of the location of the operation of this index among those that have one.
+    fn add_located(&mut self, i: usize, sheet: &Sheet) -> Result<(), AllocError>
+        ensures located { OnOk result (HasLocated self.new sheet.now i) }
+        ensures kept { OnOk result (KeepsNames self.old self.new) }
+    {
+        match sheet.located_operation(i) {
+            Some((_, number)) => self.add_all(sheet.text(number)),
+            None => Ok(()),
+        }
+    }
+
+    // The same of all locations.
+    fn add_locations(&mut self, sheet: &Sheet) -> Result<(), AllocError>
+        ensures located { OnOk result ((i : ℕ) → HasLocated self.new sheet.now i) }
+        ensures kept { OnOk result (KeepsNames self.old self.new) }
+    {
+        for i in 0..sheet.num_operation_location() {
+            self.add_located(i, sheet)?;
+        }
+        Ok(())
+    }
+
     /// The names that the texts of the sheet have behind `@`, but as callees of calls. Errors: allocation failure. Cost: linear in
     /// the texts.
     pub(crate) fn of(alloc: Global, sheet: &Sheet) -> Result<Self, AllocError>
         ensures before { IfOk result (λ names. HasAll names sheet.now.before.items) }
         ensures behind { IfOk result (λ names. HasAll names sheet.now.behind.items) }
         ensures forms { IfOk result (λ names. (number : ℕ) → HasNumbered names sheet.now number) }
+        ensures locations { IfOk result (λ names. (i : ℕ) → HasLocated names sheet.now i) }
     {
         let mut mentioned = MentionedNames {
             alloc,
@@ -221,6 +243,7 @@ impl MentionedNames {
         mentioned.add_all(before)?;
         mentioned.add_all(behind)?;
         mentioned.add_forms(sheet)?;
+        mentioned.add_locations(sheet)?;
         Ok(mentioned)
     }
 

@@ -53,6 +53,12 @@ a loop that counts -- rotate :: \"m\"() ({|\"llvm.func\"() <{sym_name = \"f\"}> 
     ^bb5(%7: i32):|    %8 = \"llvm.icmp\"(%7, %0) <{predicate = 2 : i64}> : (i32, i32) -> i1|    \"llvm.cond_br\"(%8, %7, \
     %7)[^bb3, ^bb4] <{operandSegmentSizes = array<i32: 1, 1, 1>}> : (i1, i32, i32) -> ()|  }) : () -> ()|}) : () -> ()| => \
     rotated loops: 1|changed|checked: what is printed says the same tree|
+operations at two places that are one -- cse :: \"m\"() ({|\"llvm.func\"() <{sym_name = \"f\"}> ({|^bb0(%0: i32):|%1 = \"llvm.add\"(%0, %0) \
+    : (i32, i32) -> i32 loc(\"a\":1:2)|%2 = \"llvm.add\"(%0, %0) : (i32, i32) -> i32 loc(\"a\":3:4)|\"llvm.return\"(%1, %2) : (i32, \
+    i32) -> () loc(\"a\":5:6)|}) : () -> () loc(\"f\")|}) : () -> () => \
+    \"m\"() ({|  \"llvm.func\"() <{sym_name = \"f\"}> ({|  ^bb0(%0: i32):|    %1 = \"llvm.add\"(%0, %0) : (i32, i32) -> i32 \
+    loc(\"a\":1:2)|    \"llvm.return\"(%1, %1) : (i32, i32) -> () loc(\"a\":5:6)|  }) : () -> () loc(\"f\")|}) : () -> ()| => \
+    changed|checked: what is printed says the same tree|
 no loop -- rotate; :: \"m\"() ({|\"llvm.func\"() <{sym_name = \"f\"}> ({|\"llvm.return\"() : () -> ()|}) : () -> ()|}) : () -> () => \
     \"m\"() ({|  \"llvm.func\"() <{sym_name = \"f\"}> ({|    \"llvm.return\"() : () -> ()|  }) : () -> ()|}) : () -> ()| => \
     unchanged|checked: what is printed says the same tree|";

@@ -281,7 +281,14 @@ impl ModulePair<'_> {
                 return false;
             }
         }
-        self.heads_agree(one.head(first), other.head(second))
+        self.heads_agree(one.head(first), other.head(second)) && self.locations_agree(one, other)
+    }
+
+    // Both have the same location, or the first text doesn't have the operation.
+    fn locations_agree(&self, one: Ptr<Operation>, other: Ptr<Operation>) -> bool {
+        self.first_sheet.place_of(one.key()).is_none()
+            || self.first_sheet.operation_location(one.key())
+                == self.second_sheet.operation_location(other.key())
     }
 
     fn heads_agree(&self, one: &Head, other: &Head) -> bool {
@@ -351,6 +358,5 @@ impl ModulePair<'_> {
             && self.texts_agree(one.properties, other.properties)
             && self.texts_agree(one.attributes, other.attributes)
             && self.texts_agree(Some(one.results), Some(other.results))
-            && self.texts_agree(one.location, other.location)
     }
 }

@@ -321,11 +321,26 @@ impl<G: Naming> ModulePrinter<'_, G> {
         }
         self.operand_types(op, ctx)?;
         self.text(self.sheet.text(form.results))?;
-        if let Some(location) = form.location {
-            self.text(b" ")?;
-            self.text(self.sheet.text(location))?;
-        }
+        self.location(op, ctx)?;
         self.text(b"\n")
+    }
+
+    // The location that the text said; of a copy, which the text didn't have, that of the operation around.
+    fn location(&mut self, op: Ptr<Operation>, ctx: &Context) -> Result<(), AllocError> {
+        let located = self.located(op, ctx);
+        if let Some(location) = self.sheet.operation_location(located.key()) {
+            self.text(b" ")?;
+            self.text(location)?;
+        }
+        Ok(())
+    }
+
+    // The operation whose location it has: itself, or where the text didn't have it the one around.
+    fn located(&self, op: Ptr<Operation>, ctx: &Context) -> Ptr<Operation> {
+        if self.sheet.place_of(op.key()).is_some() || !op.is_live(ctx) {
+            return op;
+        }
+        op.get_parent_op(ctx).unwrap_or(op)
     }
 
     fn operand_types(&mut self, op: Ptr<Operation>, ctx: &Context) -> Result<(), AllocError> {

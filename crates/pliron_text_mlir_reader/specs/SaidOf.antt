@@ -46,7 +46,6 @@ form_written reader pending tail = record {
   properties = option_map (bytes_in reader.cursor) pending.properties;
   attributes = option_map (bytes_in reader.cursor) tail.attributes;
   results = bytes_in reader.cursor tail.results;
-  location = tail.location;
 }
 
 abbrev pub value_written : TextCursor → Option ByteRange → List ℕ

@@ -29,12 +29,9 @@ SaysForm sheet written head_of head = (form : ℕ) × IsFormOf sheet form writte
 
 -- ---- heads
 
-abbrev pub without_location : WrittenForm → WrittenForm
-without_location written = record written { location = None }
-
--- a constant that is no integer says its form without its location for a datum
+-- a constant that is no integer says its form for a datum
 abbrev pub IsDatumHead : Sheet → WrittenForm → Head → Type 0
-IsDatumHead sheet written head = (datum : ℕ) × IsFormOf sheet datum (without_location written) × SaysForm sheet written (constant_head (other_constant datum)) head
+IsDatumHead sheet written head = SaysForm sheet written (λ form. constant_head (other_constant form) form) head
 
 -- it has more than 256 bytes inside its property list
 abbrev pub is_long : WrittenForm → Bool

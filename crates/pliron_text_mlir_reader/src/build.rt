@@ -158,6 +158,15 @@ fn add_types(
     Ok(())
 }
 
+// Notes where the next operation is in the text, and its location.
+fn add_place(sheet: &mut Sheet, text: &OperationSyntax) -> Result<(), Fault> {
+    if let Some(number) = text.location {
+        sheet.push_operation_location(number)?;
+    }
+    sheet.push_place(text.place)?;
+    Ok(())
+}
+
 #[tactic(auto, using(crate::proofs::AdditionLemmas::adds_none, crate::proofs::AdditionLemmas::adds_one, crate::proofs::AdditionLemmas::adds_before_none))]
 fn add_operation(
     syntax: &ModuleSyntax,
@@ -188,7 +197,7 @@ fn add_operation(
         }
     }
     add_types(syntax, sheet, first, results)?;
-    sheet.push_place(text.place)?;
+    add_place(sheet, text)?;
     built.operations.push(op)?;
     Ok(())
 }

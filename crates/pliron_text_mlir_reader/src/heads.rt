@@ -52,7 +52,6 @@ static ARITH_OVERFLOW: &[u8] = b"#arith.overflow<";
 pub struct OperationTail {
     pub attributes: Option<ByteRange>,
     pub results: ByteRange,
-    pub location: Option<usize>,
     pub shape: OperationShape,
 }
 
@@ -98,7 +97,6 @@ fn with_lists<'a, 't: 'a>(
         properties,
         attributes,
         results: texts.results,
-        location: texts.location,
     }
 }
 
@@ -500,7 +498,6 @@ impl<'t> Reader<'t> {
             properties: self.list(pending.properties),
             attributes: self.list(tail.attributes),
             results: self.cursor.bytes(tail.results),
-            location: tail.location,
         }
     }
 
@@ -533,11 +530,8 @@ impl<'t> Reader<'t> {
         ensures kind { IfOk result (λ head. HasClass Constant head) }
         ensures kept { KeepsNumbers self.old.sheet self.new.sheet }
     {
-        let mut texts = self.form_texts(pending, tail);
-        let form = self.sheet.number_of_texts(&texts)?;
-        texts.location = None;
-        let datum = self.sheet.number_of_texts(&texts)?;
-        Ok(datum_head(self.alloc, datum, form)?)
+        let form = self.form(pending, tail)?;
+        Ok(datum_head(self.alloc, form)?)
     }
 
     // The head of a constant that is no integer of a width. That of a long one doesn't say that it is a constant.

@@ -268,6 +268,7 @@ impl<'t> Reader<'t> {
             named,
             results: (0, 0),
             regions: 0,
+            location: None,
         })?;
         self.heads.push(None)?;
         Ok(())
@@ -325,7 +326,6 @@ impl<'t> Reader<'t> {
             properties: None,
             attributes: None,
             results: name,
-            location: None,
             is_whole: true,
         })?;
         let head = plain_head(self.alloc, Class::Effect, form)?;
@@ -367,11 +367,13 @@ impl<'t> Reader<'t> {
         self.cursor.step();
         let results = self.result_types(pending)?;
         let location = self.location()?;
+        if let Some(operation) = self.syntax.operations.get_mut(pending.number) {
+            operation.location = location;
+        }
         let shape = self.shape(pending);
         let tail = OperationTail {
             attributes,
             results,
-            location,
             shape,
         };
         let head = self.taken_head(pending, &tail)?;

@@ -321,12 +321,11 @@ pub fn number_head(
     constant_head(alloc, number(width, bits), form)
 }
 
-/// The head of a constant that is no integer, whose form without its location has the number of the datum. Errors:
-/// allocation failure. Cost: constant.
-pub fn datum_head(alloc: Global, datum: usize, form: usize) -> Result<Head, AllocFailed<AttrObj>>
-    ensures { IfOk result (λ head. head ≡ constant_head_of (other_constant_of datum) form) }
+/// The head of a constant that is no integer: its form has this number. Errors: allocation failure. Cost: constant.
+pub fn datum_head(alloc: Global, form: usize) -> Result<Head, AllocFailed<AttrObj>>
+    ensures { IfOk result (λ head. head ≡ constant_head_of (other_constant_of form) form) }
 {
-    constant_head(alloc, other_constant(datum), form)
+    constant_head(alloc, other_constant(form), form)
 }
 
 /// The head of a branch whose edges take so many operands. Errors: allocation failure. Cost: constant.

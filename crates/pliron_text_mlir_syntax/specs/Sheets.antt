@@ -26,13 +26,12 @@ KeepsNumbers old new = KeepsTexts old.texts new.texts × ((number : ℕ) (form :
 
 -- ---- forms
 
--- the texts of a form: the name has its quotes, and the location is a number
+-- the texts of a form: the name has its quotes
 pub record WrittenForm : Type 0 where
   pub name : List ℕ
   pub properties : Option (List ℕ)
   pub attributes : Option (List ℕ)
   pub results : List ℕ
-  pub location : Option ℕ
 
 abbrev pub option_now : Option (Bor (List ℕ)) → Option (List ℕ)
 option_now text = option_map (λ t. t.now) text
@@ -43,7 +42,6 @@ texts_written texts = record {
   properties = option_now texts.properties;
   attributes = option_now texts.attributes;
   results = texts.results.now;
-  location = texts.location;
 }
 
 -- the number is that of the text, and there is one where there is a text
@@ -53,7 +51,7 @@ HasList sheet number text = option_map (text_at sheet) number ≡ option_map Som
 abbrev pub HasTexts : Sheet → OperationForm → WrittenForm → Type 0
 HasTexts sheet form written =
     (text_at sheet form.name ≡ Some written.name) × HasList sheet form.properties written.properties × HasList sheet form.attributes written.attributes
-    × (text_at sheet form.results ≡ Some written.results) × (form.location ≡ written.location) × (form.is_whole ≡ false)
+    × (text_at sheet form.results ≡ Some written.results) × (form.is_whole ≡ false)
 
 -- the number is that of a form with these texts
 abbrev pub IsFormOf : Sheet → (number : ℕ) → WrittenForm → Type 0

@@ -1,12 +1,12 @@
 //! What a text says beside the tree.
-ghost use Rattle.std.specs.Prelude.{◌≡◌, ◌++◌, ◌∷◌, [], Some, length, unwrap_or, IfOk, OnOk};
+ghost use Rattle.std.specs.Prelude.{◌≡◌, ◌++◌, ◌∷◌, [], Some, length, slice_get, unwrap_or, IfOk, OnOk};
 
 use crate::cursor::{is_blank, is_word};
 use crate::texts::Texts;
 use indexmap::IndexSet;
 use std::alloc::{AllocError, Global};
 
-/// What the text of an operation has but for its operands, successors and regions. Numbers are those of texts.
+/// What the text of an operation has but for its operands, successors, regions and location. Numbers are those of texts.
 #[derive(Clone, Copy, Debug, PartialEq, Eq, Hash)]
 pub struct OperationForm {
     pub name: usize,
@@ -14,7 +14,6 @@ pub struct OperationForm {
     pub attributes: Option<usize>,
     /// The types of the results, as they are written behind the arrow.
     pub results: usize,
-    pub location: Option<usize>,
     /// Whether the name is all of the operation's text.
     pub is_whole: bool,
 }
@@ -29,8 +28,6 @@ pub struct FormTexts<'t> {
     /// What is inside the attribute dictionary.
     pub attributes: Option<&'t [u8]>,
     pub results: &'t [u8],
-    /// The number of the location's text.
-    pub location: Option<usize>,
 }
 
 // Whether the name that begins there has no dialect, as that of an alias has none.
@@ -87,8 +84,16 @@ fn may_be_same(first: &[u8], second: &[u8]) -> bool {
     has_alias(first) || has_alias(second) || is_same_but_for_blanks(first, second)
 }
 
-/// What a text says beside the tree: forms of operations, types of values, locations of arguments, and what is before
-/// and behind the operation.
+// The number beside this handle, where handles ascend.
+fn number_at(entries: &[(usize, usize)], key: u64) -> Option<usize> {
+    let key = usize::try_from(key).ok()?;
+    let at = entries.binary_search_by(|entry| entry.0.cmp(&key)).ok()?;
+    let (_, number) = entries.get(at).copied()?;
+    Some(number)
+}
+
+/// What a text says beside the tree: forms of operations, types of values, locations, and what is before and behind the
+/// operation.
 #[derive(Drop)]
 pub struct Sheet {
     texts: Texts,
@@ -97,6 +102,8 @@ pub struct Sheet {
     types: Vec<usize>,
     /// By the handles of operations: their places.
     places: Vec<usize>,
+    /// Handles of operations, ascending, and the numbers of their locations.
+    operation_locations: Vec<(usize, usize)>,
     /// Handles of arguments, ascending, and the numbers of their locations.
     locations: Vec<(usize, usize)>,
     before: Vec<u8>,
@@ -120,6 +127,7 @@ impl Sheet {
             forms: IndexSet::new(alloc),
             types: Vec::new(alloc),
             places: Vec::new(alloc),
+            operation_locations: Vec::new(alloc),
             locations: Vec::new(alloc),
             before: Vec::new(alloc),
             behind: Vec::new(alloc),
@@ -169,7 +177,6 @@ impl Sheet {
             properties,
             attributes,
             results,
-            location: texts.location,
             is_whole: false,
         })
     }
@@ -263,6 +270,35 @@ impl Sheet {
         Ok(())
     }
 
+    /// The next operation in the order of handles has this location. Errors: allocation failure. Cost: constant.
+    pub fn push_operation_location(&mut self, number: usize) -> Result<(), AllocError>
+        ensures { OnOk result (self.new.operation_locations.items
+            ≡ self.old.operation_locations.items ++ (length self.old.places.items, number) ∷ []) }
+    {
+        let key = self.places.len();
+        self.operation_locations.push((key, number))?;
+        Ok(())
+    }
+
+    /// The location of the operation with this handle, where the text said it. Cost: a logarithm of their number.
+    pub fn operation_location(&self, key: u64) -> Option<&[u8]> {
+        Some(self.texts.get(number_at(&self.operation_locations, key)?))
+    }
+
+    /// How many operations have a location. Cost: constant.
+    pub fn num_operation_location(&self) -> usize
+        ensures { result ≡ length self.now.operation_locations.items }
+    {
+        self.operation_locations.len()
+    }
+
+    /// The handle of the operation of this index among those that have a location, and the number of that. Cost: constant.
+    pub fn located_operation(&self, i: usize) -> Option<(usize, usize)>
+        ensures { result ≡ slice_get self.now.operation_locations.items i }
+    {
+        self.operation_locations.get(i).copied()
+    }
+
     /// Where the operation with this handle is in the text. Cost: constant.
     pub fn place_of(&self, key: u64) -> Option<usize> {
         self.places.get(usize::try_from(key).ok()?).copied()
@@ -281,13 +317,7 @@ impl Sheet {
 
     /// The location of the argument with this handle, where the text said it. Cost: a logarithm of their number.
     pub fn location_of(&self, key: u64) -> Option<&[u8]> {
-        let key = usize::try_from(key).ok()?;
-        let at = self
-            .locations
-            .binary_search_by(|entry| entry.0.cmp(&key))
-            .ok()?;
-        let (_, number) = self.locations.get(at).copied()?;
-        Some(self.texts.get(number))
+        Some(self.texts.get(number_at(&self.locations, key)?))
     }
 
     /// The text before the operation, and the text behind it. Cost: constant.

@@ -22,6 +22,8 @@ pub struct OperationSyntax {
     /// The first of the types of its results, and how many.
     pub results: (usize, usize),
     pub regions: usize,
+    /// The number of its location, where it says one.
+    pub location: Option<usize>,
 }
 
 /// A block.
