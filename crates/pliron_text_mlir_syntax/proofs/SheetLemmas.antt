@@ -59,7 +59,6 @@ texts_kept s t form written keeps is = (
   list_kept s t form.attributes written.attributes keeps is.2,
   keeps.0 form.results written.results is.3,
   is.4,
-  is.5,
 )
 
 pub form_kept : (s t : Sheet) (number : ℕ) (written : WrittenForm) → KeepsNumbers s t → IsFormOf s number written → IsFormOf t number written
