@@ -232,7 +232,7 @@ impl MentionedNames {
         ensures before { IfOk result (λ names. HasAll names sheet.now.before.items) }
         ensures behind { IfOk result (λ names. HasAll names sheet.now.behind.items) }
         ensures forms { IfOk result (λ names. (number : ℕ) → HasNumbered names sheet.now number) }
-        ensures locations { IfOk result (λ names. (i : ℕ) → HasLocated names sheet.now i) }
+        ensures located { IfOk result (λ names. (i : ℕ) → HasLocated names sheet.now i) }
     {
         let mut mentioned = MentionedNames {
             alloc,

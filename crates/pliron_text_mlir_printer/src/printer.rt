@@ -327,8 +327,8 @@ impl<G: Naming> ModulePrinter<'_, G> {
 
     // The location that the text said; of a copy, which the text didn't have, that of the operation around.
     fn location(&mut self, op: Ptr<Operation>, ctx: &Context) -> Result<(), AllocError> {
-        let located = self.located(op, ctx);
-        if let Some(location) = self.sheet.operation_location(located.key()) {
+        let owner = self.location_owner(op, ctx);
+        if let Some(location) = self.sheet.operation_location(owner.key()) {
             self.text(b" ")?;
             self.text(location)?;
         }
@@ -336,7 +336,7 @@ impl<G: Naming> ModulePrinter<'_, G> {
     }
 
     // The operation whose location it has: itself, or where the text didn't have it the one around.
-    fn located(&self, op: Ptr<Operation>, ctx: &Context) -> Ptr<Operation> {
+    fn location_owner(&self, op: Ptr<Operation>, ctx: &Context) -> Ptr<Operation> {
         if self.sheet.place_of(op.key()).is_some() || !op.is_live(ctx) {
             return op;
         }
