@@ -20,11 +20,11 @@ a switch with two equal edges -- define i32 @f(i32 %x, i32 %v) {|  switch i32 %x
 undef stays in a form -- define i32 @f(i32 %x, i1 %c) {|  %y = add i32 undef, %x|  %z = select i1 %c, i32 poison, i32 %y|  ret i32 undef|} => 2 parameters; phis; 0 add(%x)%y; 0 select(%c poison %y)%z; 0 ret(); edges
 an invoke that gives nothing -- define void @f() personality ptr @p {|  invoke void @g() to label %n unwind label %u|n:|  ret void|u:|  %l = landingpad { ptr, i32 } cleanup|  resume { ptr, i32 } %l|} => 0 parameters; phis; 0 invoke(); 1 ret(); 2 landingpad()%l; 2 resume(%l); edges 0>1() 0>2()
 an invoke that gives a value -- define i32 @f() personality ptr @p {|  %r = invoke i32 @g() to label %n unwind label %u|n:|  ret i32 %r|u:|  %l = landingpad { ptr, i32 } cleanup|  resume { ptr, i32 } %l|} => 0 parameters; phis; 0 invoke()%r; 1 ret(%r); 2 landingpad()%l; 2 resume(%l); edges 0>1() 0>2()
+a debug record -- define void @f(i32 %x) {|  #dbg_value(i32 %x, !1, !DIExpression(), !2)|  ret void|} => 1 parameters; phis; 0 #dbg_value(%x); 0 ret(); edges
 undef on an edge -- define i32 @f(i1 %c) {|a:|  br i1 %c, label %b, label %d|b:|  br label %d|d:|  %y = phi i32 [ undef, %a ], [ 2, %b ]|  ret i32 %y|} => 1 parameters; phis 2:%y; 0 br(%c); 1 br(); 2 ret(%y); edges 0>1() 0>2(undef) 1>2(2)";
 
 /// Functions that are kept as they are written, and the place and the reason.
 static KEPT: &str = "\
-a debug record -- define void @f(i32 %x) {|  #dbg_value(i32 %x, !1, !DIExpression(), !2)|  ret void|} => 2:3 kept: a debug record
 a branch of assembly that gives a value -- define i32 @f() {|  %r = callbr i32 asm \"\", \"=r,!i\"() to label %n [label %u]|n:|  ret i32 %r|u:|  ret i32 0|} => 2:3 kept: a value that is given by what ends a block";
 
 // Appends the text.

@@ -10,6 +10,7 @@ ghost use Rattle.pliron_text_llvm_building.specs.Functions.{header_of, IsFunctio
 
 use crate::build::{add_blocks, add_constants, add_operations};
 use crate::connect::connect_all;
+use crate::debug::note_debug;
 use crate::parts::BuiltParts;
 use crate::stop::{BuildStop, KeptForBuilding};
 use pliron_core::{Context, Operation, Ptr};
@@ -48,10 +49,11 @@ fn make_root(alloc: Global, header: usize, ctx: &mut Context) -> Result<Ptr<Oper
     Ok(Operation::create(ctx, head, 0, 1)?)
 }
 
-// Makes all that is in the function.
+// Makes all that is in the function, whose text before the body has this number.
 #[tactic(auto, using(crate::proofs::AdditionLemmas::addition_steps, pliron_text_llvm_sheets::proofs::KeepingLemmas::sheet_steps))]
 fn build_inside(
     plan: &FunctionPlan,
+    header: usize,
     root: Ptr<Operation>,
     ctx: &mut Context,
     sheet: &mut LlvmSheet,
@@ -63,6 +65,7 @@ fn build_inside(
     add_blocks(plan, root, ctx, sheet, built)?;
     add_constants(plan, ctx, sheet, built)?;
     add_operations(plan, ctx, sheet, built)?;
+    note_debug(plan, header, sheet, built)?;
     connect_all(plan, ctx, built)
 }
 
@@ -81,7 +84,7 @@ fn build_planned(
 {
     let root = make_root(alloc, header, ctx)?;
     let mut built = BuiltParts::new(alloc);
-    match build_inside(plan, root, ctx, sheet, &mut built) {
+    match build_inside(plan, header, root, ctx, sheet, &mut built) {
         Ok(()) => Ok(root),
         Err(stop) => Err(stop),
     }

@@ -4,9 +4,11 @@
 
 mod build;
 mod connect;
+mod debug;
 mod function;
 mod parts;
 mod stop;
+mod witnesses;
 
 pub use function::build_function;
 pub use stop::{BuildStop, KeptForBuilding};

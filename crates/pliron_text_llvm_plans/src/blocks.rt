@@ -1,6 +1,7 @@
 //! Plans of blocks and their arguments.
 ghost use Rattle.pliron_text_llvm_sheets.specs.Sheets.{KeepsSheet};
 
+use crate::debug::{names_location, plain_form, plan_location, split_form};
 use crate::given::plan_definition;
 use crate::names::{name_of_block, name_of_parameter};
 use crate::plan::{FunctionPlan, FunctionSource, PlannedArgument, PlannedBlock, PlannedDefinition};
@@ -33,6 +34,7 @@ fn plan_parameter(
     plan.arguments.push(PlannedArgument {
         definition: PlannedDefinition { number, note },
         width: 0,
+        location: None,
     })?;
     Ok(behind)
 }
@@ -59,13 +61,14 @@ fn is_of_other_text(byte: u8) -> bool {
     byte == b'"' || byte == b';' || byte == b'/'
 }
 
-// The argument that is the phi with this form.
+// The argument that is the phi with this form, whose location has this number.
 #[tactic(auto, using(pliron_text_llvm_sheets::proofs::KeepingLemmas::sheet_steps))]
 fn argument_with_form(
     alloc: Global,
     source: FunctionSource<'_>,
     argument: TreeArgument,
     form: &[u8],
+    location: Option<usize>,
     sheet: &mut LlvmSheet,
 ) -> Result<PlannedArgument, PlanStop>
     ensures { KeepsSheet sheet.old sheet.new }
@@ -75,7 +78,26 @@ fn argument_with_form(
     Ok(PlannedArgument {
         definition: plan_definition(source, argument.definition, origin, sheet)?,
         width: widths.first().copied().unwrap_or(0),
+        location,
     })
+}
+
+// The argument that is the phi at this place, whose form has a location.
+#[tactic(auto, using(pliron_text_llvm_sheets::proofs::KeepingLemmas::sheet_steps))]
+fn argument_located(
+    alloc: Global,
+    source: FunctionSource<'_>,
+    argument: TreeArgument,
+    place: usize,
+    form: &[u8],
+    sheet: &mut LlvmSheet,
+) -> Result<PlannedArgument, PlanStop>
+    ensures { KeepsSheet sheet.old sheet.new }
+{
+    let parts = split_form(form, place)?;
+    let location = plan_location(parts, sheet)?;
+    let plain = plain_form(alloc, parts)?;
+    argument_with_form(alloc, source, argument, &plain, Some(location.text), sheet)
 }
 
 // The argument that is the phi.
@@ -90,10 +112,15 @@ fn plan_argument(
 {
     let line = statement_at(source, argument.place.line)?;
     let form = read_form(alloc, source.text, source.reading, line)?;
+    let place = line.span.start;
     if form.iter().any(|byte| is_of_other_text(*byte)) {
-        return Err(PlanStop::Keep(line.span.start, KeptForPlan::Phi));
+        return Err(PlanStop::Keep(place, KeptForPlan::Phi));
     }
-    argument_with_form(alloc, source, argument, &form, sheet)
+    if names_location(&form) {
+        argument_located(alloc, source, argument, place, &form, sheet)
+    } else {
+        argument_with_form(alloc, source, argument, &form, None, sheet)
+    }
 }
 
 // Plans the phi of this number.
@@ -173,6 +200,7 @@ fn plan_given(
     plan.arguments.push(PlannedArgument {
         definition,
         width: 0,
+        location: None,
     })?;
     Ok(())
 }

@@ -4,6 +4,7 @@
 #![tactic(auto)]
 
 mod blocks;
+mod debug;
 mod given;
 mod names;
 mod operations;
@@ -15,6 +16,7 @@ mod values;
 pub use operations::plan_function;
 pub use plan::{
     FunctionPlan, FunctionSource, OperationPlan, PlannedArgument, PlannedBlock, PlannedDefinition,
+    PlannedRecord,
 };
 pub use statements::read_form;
 pub use stop::{KeptForPlan, PlanStop};

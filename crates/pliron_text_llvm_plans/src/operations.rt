@@ -2,13 +2,17 @@
 ghost use Rattle.pliron_text_llvm_sheets.specs.Sheets.{KeepsSheet};
 
 use crate::blocks::plan_blocks;
+use crate::debug::{
+    is_record_call, names_location, plain_form, plan_location, plan_record, split_form,
+};
 use crate::given::{given_by_block, plan_definition};
 use crate::plan::{FunctionPlan, FunctionSource, OperationPlan, PlannedDefinition};
 use crate::statements::{read_form, statement_at};
 use crate::stop::PlanStop;
 use crate::values::plan_value;
 use pliron_text_llvm_classes::{FormCounts, operand_widths_of_form};
-use pliron_text_llvm_sheets::{LlvmSheet, ValueOrigin};
+use pliron_text_llvm_reader::StatementLayout;
+use pliron_text_llvm_sheets::{LlvmSheet, LocationNote, ValueOrigin};
 use pliron_text_llvm_trees::{TreeEdge, TreeStatement};
 use std::alloc::{AllocError, Global};
 
@@ -131,26 +135,33 @@ fn push_uses(
     }
 }
 
+// The form of a statement without its location.
+#[derive(Clone, Copy)]
+struct PlainForm<'f> {
+    text: &'f [u8],
+    location: Option<LocationNote>,
+}
+
 // Plans the statement, whose form this is.
 #[tactic(auto, using(pliron_text_llvm_sheets::proofs::KeepingLemmas::sheet_steps))]
 fn plan_with_form(
     alloc: Global,
     source: FunctionSource<'_>,
     statement: &TreeStatement,
-    form: &[u8],
+    form: PlainForm<'_>,
     sheet: &mut LlvmSheet,
     plan: &mut FunctionPlan,
 ) -> Result<(), PlanStop>
     ensures { KeepsSheet sheet.old sheet.new }
 {
     let line = statement_at(source, statement.line)?;
-    let number = sheet.number(form)?;
+    let number = sheet.number(form.text)?;
     let is_end = line.statement.row.is_terminator;
     let result = plan_result(source, is_end, statement.result, sheet)?;
     let first = plan.operands.len();
     let first_edge = plan.successors.len();
     let first_undefined = plan.constants.undefined.len();
-    push_uses(alloc, source, statement, form, sheet, plan)?;
+    push_uses(alloc, source, statement, form.text, sheet, plan)?;
     let successors = plan.successors.len().saturating_sub(first_edge);
     plan.operations.push(OperationPlan {
         place: line.span.start,
@@ -171,11 +182,59 @@ fn plan_with_form(
                 .saturating_sub(first_undefined),
         ),
         result,
+        location: form.location,
+        records: plan.last_records(),
     })?;
     Ok(())
 }
 
-// Plans the statement.
+// Plans the statement at this place, whose form has a location.
+#[tactic(auto, using(pliron_text_llvm_sheets::proofs::KeepingLemmas::sheet_steps))]
+fn plan_located(
+    alloc: Global,
+    source: FunctionSource<'_>,
+    statement: &TreeStatement,
+    place: usize,
+    form: &[u8],
+    sheet: &mut LlvmSheet,
+    plan: &mut FunctionPlan,
+) -> Result<(), PlanStop>
+    ensures { KeepsSheet sheet.old sheet.new }
+{
+    let parts = split_form(form, place)?;
+    let location = plan_location(parts, sheet)?;
+    let text = plain_form(alloc, parts)?;
+    let form = PlainForm {
+        text: &text,
+        location: Some(location),
+    };
+    plan_with_form(alloc, source, statement, form, sheet, plan)
+}
+
+// Plans the operation, whose form this is.
+#[tactic(auto, using(pliron_text_llvm_sheets::proofs::KeepingLemmas::sheet_steps))]
+fn plan_operation(
+    alloc: Global,
+    source: FunctionSource<'_>,
+    statement: &TreeStatement,
+    place: usize,
+    form: &[u8],
+    sheet: &mut LlvmSheet,
+    plan: &mut FunctionPlan,
+) -> Result<(), PlanStop>
+    ensures { KeepsSheet sheet.old sheet.new }
+{
+    if names_location(form) {
+        return plan_located(alloc, source, statement, place, form, sheet, plan);
+    }
+    let form = PlainForm {
+        text: form,
+        location: None,
+    };
+    plan_with_form(alloc, source, statement, form, sheet, plan)
+}
+
+// Plans the statement: an operation, or a debug record.
 #[tactic(auto, using(pliron_text_llvm_sheets::proofs::KeepingLemmas::sheet_steps))]
 fn plan_statement(
     alloc: Global,
@@ -188,7 +247,19 @@ fn plan_statement(
 {
     let line = statement_at(source, statement.line)?;
     let form = read_form(alloc, source.text, source.reading, line)?;
-    plan_with_form(alloc, source, statement, &form, sheet, plan)
+    if matches!(line.statement.row.layout, StatementLayout::Record) || is_record_call(&form) {
+        plan_record(source, statement, &form, sheet, plan)
+    } else {
+        plan_operation(
+            alloc,
+            source,
+            statement,
+            line.span.start,
+            &form,
+            sheet,
+            plan,
+        )
+    }
 }
 
 // Plans the statements.

@@ -2,7 +2,7 @@
 use crate::values::{PlannedConstants, PlannedValue};
 use pliron_text_llvm_classes::FormCounts;
 use pliron_text_llvm_functions::FunctionReading;
-use pliron_text_llvm_sheets::ValueNote;
+use pliron_text_llvm_sheets::{LocationNote, ValueNote};
 use pliron_text_llvm_trees::FunctionTree;
 use std::alloc::Global;
 
@@ -32,6 +32,8 @@ pub struct PlannedArgument {
     pub definition: PlannedDefinition,
     /// The width of its type: 0 of what is no integer of at most 64 bits, and of parameters.
     pub width: u32,
+    /// The number of its location.
+    pub location: Option<usize>,
 }
 
 /// A block that is to be made.
@@ -63,6 +65,19 @@ pub struct OperationPlan {
     pub undefined: (usize, usize),
     /// What it gives.
     pub result: Option<PlannedDefinition>,
+    pub location: Option<LocationNote>,
+    /// The first of the debug records before it, and how many.
+    pub records: (usize, usize),
+}
+
+/// A debug record that is to be noted.
+#[doc(hidden)]
+#[derive(Clone, Copy, Debug, Drop)]
+pub struct PlannedRecord {
+    /// The number of its form.
+    pub form: usize,
+    /// The first of the values that it names, and how many.
+    pub values: (usize, usize),
 }
 
 /// What is to be built of a function.
@@ -82,6 +97,10 @@ pub struct FunctionPlan {
     pub successors: Vec<usize>,
     /// How many operands each of these edges passes.
     pub passed: Vec<usize>,
+    /// The debug records, in the order of the text.
+    pub records: Vec<PlannedRecord>,
+    /// The numbers of the definitions that all records name.
+    pub named: Vec<usize>,
 }
 
 impl FunctionPlan {
@@ -95,7 +114,34 @@ impl FunctionPlan {
             operands: Vec::new(alloc),
             successors: Vec::new(alloc),
             passed: Vec::new(alloc),
+            records: Vec::new(alloc),
+            named: Vec::new(alloc),
         }
+    }
+
+    /// The first of the records behind the last operation, and how many. Cost: constant.
+    pub fn last_records(&self) -> (usize, usize) {
+        let first = match self.operations.last() {
+            Some(operation) => {
+                let (first, count) = operation.records;
+                first.saturating_add(count)
+            }
+            None => 0,
+        };
+        (first, self.records.len().saturating_sub(first))
+    }
+
+    /// Whether there is a debug record, or a location of an operation or an argument. Cost: linear in these.
+    pub fn has_debug(&self) -> bool {
+        !self.records.is_empty()
+            || self
+                .operations
+                .iter()
+                .any(|operation| operation.location.is_some())
+            || self
+                .arguments
+                .iter()
+                .any(|argument| argument.location.is_some())
     }
 
     /// The argument with this index of the block. Cost: constant.

@@ -17,6 +17,8 @@ pub enum KeptForPlan {
     Arguments,
     #[error("a value that an invoke gives to a block to which other edges lead")]
     Given,
+    #[error("a debug location that is no number")]
+    Location,
 }
 
 /// What stops planning a function.

@@ -1,4 +1,5 @@
 pub mod Apart
+pub mod DebugTexts
 pub mod LocalNames
 pub mod LocalNumbers
 pub mod PrintedFunctions

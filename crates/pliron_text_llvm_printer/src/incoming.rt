@@ -23,6 +23,14 @@ pub struct PassingEdge {
     pub first: usize,
 }
 
+/// The number of the operation's form, if it has one. Cost: constant.
+pub fn form_number(op: Ptr<Operation>, ctx: &Context) -> Option<u128> {
+    if !op.is_live(ctx) {
+        return None;
+    }
+    form_of(op.head(ctx))
+}
+
 /// The text of the operation's form, if it has one. Cost: constant.
 pub fn form_text<'s>(op: Ptr<Operation>, sheet: &'s LlvmSheet, ctx: &Context) -> Option<&'s [u8]>
     ensures { IfSome result (λ text. HasFormText sheet.now ctx.now.tree op text.now) }
@@ -43,8 +51,8 @@ fn num_operand_mark(form: &[u8]) -> usize {
     form.iter().filter(|byte| **byte == mark).count()
 }
 
-// How many of the operation's operands are its own, and not passed by its edges.
-fn num_own(op: Ptr<Operation>, sheet: &LlvmSheet, ctx: &Context) -> usize {
+/// How many of the operation's operands are its own, and not passed by its edges. Cost: linear in its form.
+pub fn num_own(op: Ptr<Operation>, sheet: &LlvmSheet, ctx: &Context) -> usize {
     match form_text(op, sheet, ctx) {
         Some(form) => num_operand_mark(form),
         None => 0,

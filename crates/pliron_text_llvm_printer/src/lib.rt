@@ -2,6 +2,7 @@
 //! numbers, arguments of blocks as phis, and constants where they are read.
 #![tactic(auto)]
 
+mod debug;
 mod forms;
 mod incoming;
 mod integers;
@@ -10,6 +11,7 @@ mod names;
 mod print;
 mod stop;
 mod walk;
+mod witnesses;
 
 pub use module::print_module;
 pub use print::print_function;

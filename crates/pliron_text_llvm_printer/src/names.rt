@@ -337,6 +337,17 @@ impl LocalNumbers {
         }
     }
 
+    /// Whether the value has a number or a name. Cost: constant.
+    pub fn is_called(&self, value: Value, sheet: &LlvmSheet) -> bool {
+        if self.values.get(&value.key()).is_some() {
+            return true;
+        }
+        match note_of(value, sheet) {
+            Some(note) => note.name.is_some(),
+            None => false,
+        }
+    }
+
     /// Whether the block has no name, but a number. Cost: constant.
     pub fn is_numbered(&self, block: Ptr<BasicBlock>) -> bool {
         self.blocks.get(&block.key()).is_some()

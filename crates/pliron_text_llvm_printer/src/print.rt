@@ -3,7 +3,7 @@ ghost use Rattle.std.specs.Prelude.{OnOk};
 ghost use Rattle.pliron_text_llvm_printer.specs.PrintedFunctions.{AppendsFunction};
 
 use crate::forms::{before_entries, behind_entries};
-use crate::incoming::{PassingEdge, edges_between, edges_to, form_text};
+use crate::incoming::{PassingEdge, edges_between, edges_to, form_number, form_text};
 use crate::integers::IntegerText;
 use crate::names::{LocalNumbers, given_by, is_constant, maker, note_of, num_phi, write_number};
 use crate::stop::PrintStop;
@@ -11,17 +11,27 @@ use crate::walk::{blocks_of, first_operation, next_operation, num_argument};
 use pliron_core::{AttrObj, BasicBlock, Context, Head, Operation, Ptr, Value};
 use pliron_dialect_mlir::{Class, class_of_head, form_of_constant, integer_of};
 use pliron_text_llvm_parts::TakenBlock;
-use pliron_text_llvm_sheets::{LlvmSheet, ValueOrigin};
+use pliron_text_llvm_sheets::{LlvmSheet, ValueOrigin, scope_of_header};
 use pliron_text_llvm_syntax::{HoleKind, is_mark};
 use std::alloc::{AllocError, Global};
 
 /// What printing a function reads.
 #[derive(Clone, Copy)]
-struct FunctionView<'s> {
-    sheet: &'s LlvmSheet,
+pub struct FunctionView<'s> {
+    pub alloc: Global,
+    pub sheet: &'s LlvmSheet,
     numbers: &'s LocalNumbers,
     edges: &'s [PassingEdge],
-    ctx: &'s Context,
+    /// The digits of the number of the function's scope, where it has debug info.
+    pub scope: Option<&'s [u8]>,
+    pub ctx: &'s Context,
+}
+
+/// How many marks of a form are written.
+#[derive(Drop)]
+struct WrittenMarks {
+    operands: usize,
+    successors: usize,
 }
 
 // The datum of a constant with this head; none of any other operation.
@@ -86,8 +96,17 @@ impl FunctionView<'_> {
         }
     }
 
-    // Appends what stands where the value is read: its name, or the text of the constant that it is.
-    fn write_value(self, value: Value, out: &mut Vec<u8>) -> Result<(), PrintStop> {
+    /// Whether something stands for the value where it is read. Cost: constant.
+    pub fn is_called(&self, value: Value) -> bool {
+        match maker(value, self.ctx) {
+            Some(op) if is_constant(op, self.sheet, self.ctx) => true,
+            _ => self.numbers.is_called(value, self.sheet),
+        }
+    }
+
+    /// Appends what stands where the value is read: its name, or the text of the constant that it is. Errors: it has none;
+    /// allocation failure. Cost: its length.
+    pub fn write_value(self, value: Value, out: &mut Vec<u8>) -> Result<(), PrintStop> {
         match maker(value, self.ctx) {
             Some(op) if is_constant(op, self.sheet, self.ctx) => self.write_constant(op, out),
             _ => self.numbers.write_value(value, self.sheet, out),
@@ -126,27 +145,71 @@ impl FunctionView<'_> {
         self.write_label(op.get_successor(self.ctx, i), out)
     }
 
-    // Appends the form with what stands for its marks.
+    // Appends the part of a form with what stands for its marks.
+    fn write_marked(
+        self,
+        op: Ptr<Operation>,
+        form: &[u8],
+        written: &mut WrittenMarks,
+        out: &mut Vec<u8>,
+    ) -> Result<(), PrintStop> {
+        for byte in form {
+            if !is_mark(*byte) {
+                out.push(*byte)?;
+            } else if *byte == HoleKind::Operand.mark() {
+                self.write_operand(op, written.operands, out)?;
+                written.operands = written.operands.saturating_add(1);
+            } else {
+                self.write_successor(op, written.successors, out)?;
+                written.successors = written.successors.saturating_add(1);
+            }
+        }
+        Ok(())
+    }
+
+    // Appends the form with what stands for its marks, and with the location that stands before this byte.
+    fn write_located(
+        self,
+        op: Ptr<Operation>,
+        form: &[u8],
+        at: usize,
+        location: &[u8],
+        out: &mut Vec<u8>,
+    ) -> Result<(), PrintStop> {
+        let mut written = WrittenMarks {
+            operands: 0,
+            successors: 0,
+        };
+        let before = form.get(..at).unwrap_or(form);
+        self.write_marked(op, before, &mut written, out)?;
+        out.extend_from_slice(location)?;
+        let behind = form.get(before.len()..).unwrap_or(&[]);
+        self.write_marked(op, behind, &mut written, out)
+    }
+
+    // Appends the form with what stands for its marks, and with the location of the operation.
     fn write_form(
         self,
         op: Ptr<Operation>,
         form: &[u8],
         out: &mut Vec<u8>,
     ) -> Result<(), PrintStop> {
-        let mut operand: usize = 0;
-        let mut successor: usize = 0;
-        for byte in form {
-            if !is_mark(*byte) {
-                out.push(*byte)?;
-            } else if *byte == HoleKind::Operand.mark() {
-                self.write_operand(op, operand, out)?;
-                operand = operand.saturating_add(1);
-            } else {
-                self.write_successor(op, successor, out)?;
-                successor = successor.saturating_add(1);
+        match self.location_of(op, form_number(op, self.ctx), form.len()) {
+            Some((at, location)) => self.write_located(op, form, at, location, out),
+            None => {
+                self.write_located(op, form, form.len(), &[], out)?;
+                Ok(self.write_made_location(op, form, out)?)
             }
         }
-        Ok(())
+    }
+
+    // Appends an operation that a pass made, with the location that it had before.
+    fn write_changed(self, op: Ptr<Operation>, out: &mut Vec<u8>) -> Result<(), PrintStop> {
+        self.write_made(op, out)?;
+        match self.location_of(op, None, 0) {
+            Some((_, location)) => Ok(out.extend_from_slice(location)?),
+            None => Ok(()),
+        }
     }
 
     // Appends an operation on integers that a pass made.
@@ -206,7 +269,7 @@ impl FunctionView<'_> {
         self.write_result(op, out)?;
         match form_text(op, self.sheet, self.ctx) {
             Some(form) => self.write_form(op, form, out)?,
-            None => self.write_made(op, out)?,
+            None => self.write_changed(op, out)?,
         }
         Ok(out.push(b'\n')?)
     }
@@ -271,18 +334,21 @@ impl FunctionView<'_> {
         out.extend_from_slice(b" = ")?;
         out.extend_from_slice(before)?;
         self.write_entries(block, i, out)?;
+        self.write_location_of_argument(value, out)?;
         out.extend_from_slice(behind)?;
         Ok(out.push(b'\n')?)
     }
 
-    // Appends the lines of the block's operations.
+    // Appends the lines of the block's operations, and of the debug records between them.
     fn write_operations(self, block: Ptr<BasicBlock>, out: &mut Vec<u8>) -> Result<(), PrintStop> {
+        let mut left = self.first_noted(block);
         let mut next = first_operation(block, self.ctx);
         // Each turn takes an operation, or is the last.
         for _ in 0..u64::MAX {
             let Some(op) = next else {
                 break;
             };
+            left = self.write_records(op, left, out)?;
             self.write_operation(op, out)?;
             next = next_operation(op, self.ctx);
         }
@@ -364,9 +430,10 @@ fn write_function(
     Ok(out.push(b'}')?)
 }
 
-// The text of the blocks, by new numbers, and of those that are gone.
+// The text of the blocks of the function, by new numbers, and of those that are gone.
 fn text_of_blocks(
     alloc: Global,
+    root: Ptr<Operation>,
     blocks: &[Ptr<BasicBlock>],
     taken: &[TakenBlock],
     sheet: &LlvmSheet,
@@ -377,10 +444,13 @@ fn text_of_blocks(
     let mut numbers = LocalNumbers::new(alloc);
     match numbers.add_all(blocks, sheet, ctx) {
         Ok(()) => {
+            let header = form_text(root, sheet, ctx).unwrap_or(&[]);
             let view = FunctionView {
+                alloc,
                 sheet,
                 numbers: &numbers,
                 edges: &edges,
+                scope: scope_of_header(header),
                 ctx,
             };
             view.write_blocks(blocks, body)?;
@@ -409,7 +479,7 @@ pub fn print_function(
 {
     let blocks = blocks_of(alloc, root, ctx)?;
     let mut body = Vec::new(alloc);
-    match text_of_blocks(alloc, &blocks, taken, sheet, ctx, &mut body) {
+    match text_of_blocks(alloc, root, &blocks, taken, sheet, ctx, &mut body) {
         Ok(()) => write_function(root, &body, sheet, ctx, out),
         Err(stop) => Err(stop),
     }

@@ -1,3 +1,5 @@
 pub mod Constants
+pub mod Debug
 pub mod Notes
+pub mod Scopes
 pub mod Sheets

@@ -1,7 +1,9 @@
 //! The sheet of functions.
 ghost use Rattle.std.specs.Prelude.{◌≡◌, [], Some, unwrap_or, IfOk, OnOk};
-ghost use Rattle.pliron_text_llvm_sheets.specs.Notes.{note_at, KeepsNotes};
+ghost use Rattle.pliron_text_llvm_sheets.specs.Notes.{note_at};
 
+use crate::debug::DebugSheet;
+use crate::notes::put_note;
 use pliron_text_mlir_syntax::Texts;
 use std::alloc::{AllocError, Global};
 
@@ -29,7 +31,8 @@ pub struct ValueNote {
     pub name: Option<usize>,
 }
 
-/// What the texts of functions say beside their trees: forms and texts of constants by numbers, and names by handles.
+/// What the texts of functions say beside their trees: forms and texts of constants by numbers, names by handles, and debug
+/// records.
 #[derive(Drop)]
 pub struct LlvmSheet {
     texts: Texts,
@@ -37,25 +40,8 @@ pub struct LlvmSheet {
     values: Vec<Option<ValueNote>>,
     /// By the handles of blocks: the numbers of their names, without the `:`.
     blocks: Vec<Option<usize>>,
-}
-
-// At this number there is this note from now on, or the one that there was.
-fn put_note<T: Copy + Drop>(
-    notes: &mut Vec<Option<T>>,
-    number: usize,
-    note: T,
-) -> Result<(), AllocError>
-    ensures noted { OnOk result (note_at notes.new.items number
-        ≡ Some (unwrap_or (note_at notes.old.items number) note)) }
-    ensures kept { KeepsNotes notes.old.items notes.new.items }
-{
-    if number >= notes.len() {
-        notes.resize(number, None)?;
-        notes.push(Some(note))?;
-    } else if notes[number].is_none() {
-        notes[number] = Some(note);
-    }
-    Ok(())
+    /// Debug records and locations.
+    pub debug: DebugSheet,
 }
 
 impl LlvmSheet {
@@ -70,6 +56,7 @@ impl LlvmSheet {
             texts: Texts::new(alloc),
             values: Vec::new(alloc),
             blocks: Vec::new(alloc),
+            debug: DebugSheet::new(alloc),
         }
     }
 

@@ -8,7 +8,7 @@ use Rattle.pliron_text_llvm_reader.specs.declared.body.BodyStatement.{BodyStatem
 use Rattle.pliron_text_llvm_reader.specs.declared.body.FunctionBody.{FunctionBody}
 use Rattle.pliron_text_llvm_reader.specs.declared.statement.Statement.{Statement as ReadStatement}
 use Rattle.pliron_text_llvm_reader.specs.declared.table.StatementLayout.{StatementLayout}
-use Rattle.pliron_text_llvm_reader.specs.declared.table.StatementLayout.TheVariants.{Record, Invoke}
+use Rattle.pliron_text_llvm_reader.specs.declared.table.StatementLayout.TheVariants.{Invoke}
 use Rattle.pliron_text_llvm_functions.specs.declared.function.FunctionReading.{FunctionReading}
 use Rattle.pliron_text_llvm_edges.specs.Numbers.{numbers_passing, in_blocks}
 use Rattle.pliron_text_llvm_edges.specs.Phis.{is_phi_layout}
@@ -18,7 +18,7 @@ use Rattle.pliron_text_llvm_trees.specs.Results.{HasResult}
 
 -- ---- where operations are
 
--- a statement that is no phi
+-- a statement that is no phi: an operation, or a debug record
 abbrev pub is_operation : Option BodyLine → Bool
 is_operation None = false
 is_operation (Some (Label span)) = false
@@ -36,19 +36,14 @@ place_of_statement statement = (statement.block, statement.line)
 
 -- ---- what operations are
 
-abbrev pub is_record_layout : StatementLayout → Bool
-is_record_layout Record = true
-is_record_layout _ = false
-
 abbrev pub is_invoke_layout : StatementLayout → Bool
 is_invoke_layout Invoke = true
 is_invoke_layout _ = false
 
--- no debug record; and what ends a block gives nothing, unless it is an invoke
+-- what ends a block gives nothing, unless it is an invoke
 abbrev pub IsServed : ReadStatement → Type 0
 IsServed statement =
-    (is_record_layout statement.row.layout ≡ false)
-    × (is_invoke_layout statement.row.layout ≡ false → statement.row.is_terminator ≡ true → statement.gives ≡ false)
+    is_invoke_layout statement.row.layout ≡ false → statement.row.is_terminator ≡ true → statement.gives ≡ false
 
 -- the statement of a line: with its operands, and the definition of what it gives
 pub record IsTreeStatement (text : List ℕ) (reading : FunctionReading) (statement : TreeStatement) : Type 0 where

@@ -24,7 +24,7 @@ pub struct FunctionTree {
     pub arguments: Vec<TreeArgument>,
     /// For each block the numbers of its phis.
     pub by_block: Vec<Vec<usize>>,
-    /// The operations, in the order of the text.
+    /// The operations and debug records, in the order of the text.
     pub statements: Vec<TreeStatement>,
     /// The edges, in the order of the text.
     pub edges: Vec<TreeEdge>,
@@ -86,8 +86,8 @@ fn read_all(
 }
 
 /// What the tree of a function is built of, by numbers: the arguments of its blocks, its operations with the values that
-/// they read and give, and its edges with the values that they pass. The function is kept as it is written where it has
-/// a debug record, or what ends a block gives a value and is no invoke.
+/// they read and give, and its edges with the values that they pass. The function is kept as it is written where what
+/// ends a block gives a value and is no invoke.
 ///
 /// Asks for the edges that were read of it. Errors: allocation failure. Cost: linear in the function, with a search
 /// among the definitions for each value that is given, and one among the entries of a phi for each that is passed.

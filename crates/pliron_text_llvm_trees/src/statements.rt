@@ -1,4 +1,4 @@
-//! Statements that are operations of the tree.
+//! Statements that are operations of the tree, and debug records between them.
 ghost use Rattle.std.specs.Prelude.{◌≡◌, ◌++◌, ◌-◌, [], true, false, Some, slice_get, map, IfOk, OnOk, MatchOption};
 ghost use Rattle.std.specs.List.{All};
 ghost use Rattle.pliron_text_llvm_reader.specs.declared.body.BodyLine.TheVariants.{Statement};
@@ -14,7 +14,7 @@ use pliron_text_llvm_functions::FunctionReading;
 use pliron_text_llvm_reader::{BlockLines, BodyLine, BodyStatement, StatementLayout};
 use std::alloc::{AllocError, Global};
 
-/// A statement that is an operation.
+/// A statement that is an operation, or a debug record.
 #[doc(hidden)]
 #[derive(Debug, Drop)]
 pub struct TreeStatement {
@@ -22,7 +22,7 @@ pub struct TreeStatement {
     pub block: usize,
     /// The number of its line.
     pub line: usize,
-    /// Its operands, by the numbers of their holes.
+    /// Its operands, or the values that the record names, by the numbers of their holes.
     pub operands: Vec<usize>,
     /// The number of the definition that is what it gives.
     pub result: Option<usize>,
@@ -57,7 +57,6 @@ fn expect_served(line: &BodyStatement) -> Result<(), TreeStop>
     ensures { OnOk result (IsServed line.now.statement) }
 {
     match line.statement.row.layout {
-        StatementLayout::Record => Err(TreeStop::Keep(line.span.start, KeptForTree::Record)),
         StatementLayout::Invoke => Ok(()),
         _ if line.statement.row.is_terminator && line.statement.gives => {
             Err(TreeStop::Keep(line.span.start, KeptForTree::EndGives))
@@ -172,11 +171,11 @@ fn push_operations_of_block(
     Ok(())
 }
 
-/// Adds the statements of a function that are operations of its tree to none, in the order of the text: all but its
-/// phis, each with its operands and with the definition of what it gives.
+/// Adds the statements of a function that are operations of its tree, and its debug records, to none, in the order of the
+/// text: all but its phis, each with its operands and with the definition of what it gives.
 ///
-/// Asks that there is no statement yet. Errors: a debug record, or what ends a block gives a value and is no invoke, and
-/// so the function is kept as it is written; allocation failure. Cost: linear in the function, and a search among the definitions for
+/// Asks that there is no statement yet. Errors: what ends a block gives a value and is no invoke, and so the function is
+/// kept as it is written; allocation failure. Cost: linear in the function, and a search among the definitions for
 /// each value.
 #[doc(hidden)]
 #[tactic(auto, using(pliron_text_llvm_edges::proofs::NumberLemmas::blocks_all, crate::proofs::StatementLemmas::statements_begun, crate::proofs::StatementLemmas::statements_none))]

@@ -9,8 +9,6 @@ use thiserror::Error;
 #[doc(hidden)]
 #[derive(Clone, Copy, Debug, Drop, PartialEq, Eq, Error)]
 pub enum KeptForTree {
-    #[error("a debug record")]
-    Record,
     #[error("a value that is given by what ends a block")]
     EndGives,
     #[error("a value that nothing defines")]
