@@ -7,7 +7,7 @@ use crate::stop::{BuildStop, no_value};
 use crate::witnesses::Witnesses;
 use pliron_core::{Operation, Ptr};
 use pliron_text_llvm_plans::{FunctionPlan, OperationPlan, PlannedRecord, PlannedValue};
-use pliron_text_llvm_sheets::{LlvmSheet, NamedNote, OperationNote, RecordNote, has_scope};
+use pliron_text_llvm_sheets::{LlvmSheet, RecordedValue, OperationNote, RecordNote, has_scope};
 use std::alloc::AllocError;
 
 /// What is read to note debug records and locations.
@@ -31,7 +31,7 @@ fn note_named(source: DebugSource<'_>, at: usize, sheet: &mut LlvmSheet) -> Resu
     let Some(value) = source.built.value(PlannedValue::Defined(number)) else {
         return Err(no_value(0));
     };
-    sheet.debug.push_named(NamedNote {
+    sheet.debug.push_named(RecordedValue {
         value,
         witness: source.witnesses.of_definition(number),
     })?;

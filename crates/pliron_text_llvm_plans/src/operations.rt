@@ -135,6 +135,11 @@ fn push_uses(
     }
 }
 
+// The first one of those that were added since there were so many, and how many these are.
+fn since(first: usize, count: usize) -> (usize, usize) {
+    (first, count.saturating_sub(first))
+}
+
 // The form of a statement without its location.
 #[derive(Clone, Copy)]
 struct PlainForm<'f> {
@@ -162,46 +167,42 @@ fn plan_with_form(
     let first_edge = plan.successors.len();
     let first_undefined = plan.constants.undefined.len();
     push_uses(alloc, source, statement, form.text, sheet, plan)?;
-    let successors = plan.successors.len().saturating_sub(first_edge);
-    plan.operations.push(OperationPlan {
+    let edges = since(first_edge, plan.successors.len());
+    let counts = FormCounts {
+        operands: statement.operands.len(),
+        successors: edges.1,
+        is_end,
+    };
+    let operation = OperationPlan {
         place: line.span.start,
         block: statement.block,
         form: number,
-        counts: FormCounts {
-            operands: statement.operands.len(),
-            successors,
-            is_end,
-        },
-        operands: (first, plan.operands.len().saturating_sub(first)),
-        edges: (first_edge, successors),
-        undefined: (
-            first_undefined,
-            plan.constants
-                .undefined
-                .len()
-                .saturating_sub(first_undefined),
-        ),
+        counts,
+        operands: since(first, plan.operands.len()),
+        edges,
+        undefined: since(first_undefined, plan.constants.undefined.len()),
         result,
         location: form.location,
         records: plan.last_records(),
-    })?;
+    };
+    plan.operations.push(operation)?;
     Ok(())
 }
 
-// Plans the statement at this place, whose form has a location.
+// Plans the statement, whose form has a location.
 #[tactic(auto, using(pliron_text_llvm_sheets::proofs::KeepingLemmas::sheet_steps))]
 fn plan_located(
     alloc: Global,
     source: FunctionSource<'_>,
     statement: &TreeStatement,
-    place: usize,
     form: &[u8],
     sheet: &mut LlvmSheet,
     plan: &mut FunctionPlan,
 ) -> Result<(), PlanStop>
     ensures { KeepsSheet sheet.old sheet.new }
 {
-    let parts = split_form(form, place)?;
+    let line = statement_at(source, statement.line)?;
+    let parts = split_form(form, line.span.start)?;
     let location = plan_location(parts, sheet)?;
     let text = plain_form(alloc, parts)?;
     let form = PlainForm {
@@ -217,7 +218,6 @@ fn plan_operation(
     alloc: Global,
     source: FunctionSource<'_>,
     statement: &TreeStatement,
-    place: usize,
     form: &[u8],
     sheet: &mut LlvmSheet,
     plan: &mut FunctionPlan,
@@ -225,7 +225,7 @@ fn plan_operation(
     ensures { KeepsSheet sheet.old sheet.new }
 {
     if names_location(form) {
-        return plan_located(alloc, source, statement, place, form, sheet, plan);
+        return plan_located(alloc, source, statement, form, sheet, plan);
     }
     let form = PlainForm {
         text: form,
@@ -250,15 +250,7 @@ fn plan_statement(
     if matches!(line.statement.row.layout, StatementLayout::Record) || is_record_call(&form) {
         plan_record(source, statement, &form, sheet, plan)
     } else {
-        plan_operation(
-            alloc,
-            source,
-            statement,
-            line.span.start,
-            &form,
-            sheet,
-            plan,
-        )
+        plan_operation(alloc, source, statement, &form, sheet, plan)
     }
 }
 

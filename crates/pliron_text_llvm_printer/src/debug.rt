@@ -49,7 +49,7 @@ impl FunctionView<'_> {
 
     // Appends what stands for the value of this number that a record names: `poison` where nothing does.
     fn write_named(self, number: usize, out: &mut Vec<u8>) -> Result<(), PrintStop> {
-        let shown = match self.sheet.debug.named(number) {
+        let shown = match self.sheet.debug.value_named(number) {
             Some(named) => shown_value(named, self.sheet, self.ctx),
             None => None,
         };

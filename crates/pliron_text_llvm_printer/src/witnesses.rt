@@ -6,7 +6,7 @@ ghost use Rattle.pliron_text_llvm_printer.specs.DebugTexts.{IsOperandOf, StandsT
 use crate::incoming::num_own;
 use crate::names::num_phi;
 use pliron_core::{Context, Def, Operation, Ptr, Value};
-use pliron_text_llvm_sheets::{LlvmSheet, NamedNote, WitnessNote};
+use pliron_text_llvm_sheets::{LlvmSheet, RecordedValue, WitnessNote};
 
 // The operand with this index, if there is one.
 fn operand_at(op: Ptr<Operation>, index: usize, ctx: &Context) -> Option<Value>
@@ -42,7 +42,7 @@ fn place_passed(op: Ptr<Operation>, edge: usize, argument: Value, ctx: &Context)
 }
 
 // What stands where the value was read.
-fn witnessed(witness: WitnessNote, sheet: &LlvmSheet, ctx: &Context) -> Option<Value>
+fn value_at(witness: WitnessNote, sheet: &LlvmSheet, ctx: &Context) -> Option<Value>
     ensures { IfSome result (λ value. IsOperandOf ctx.now.tree witness value) }
 {
     let Some(argument) = witness.argument else {
@@ -56,15 +56,16 @@ fn witnessed(witness: WitnessNote, sheet: &LlvmSheet, ctx: &Context) -> Option<V
 /// What stands for a value that a debug record names: the value while it lives, and else what stands now where the text reads
 /// it, which is the value that a pass put in its place. Cost: constant, and for what an edge passes linear in the form of its
 /// operation.
-pub fn shown_value(named: NamedNote, sheet: &LlvmSheet, ctx: &Context) -> Option<Value>
-    ensures lives { IsDefined ctx.now.tree named.value → result ≡ Some named.value }
-    ensures gone { IfSome result (λ value. (IsDefined ctx.now.tree named.value → ⊥) → StandsThere ctx.now.tree named.witness value) }
+pub fn shown_value(named: RecordedValue, sheet: &LlvmSheet, ctx: &Context) -> Option<Value>
+    ensures defined { IsDefined ctx.now.tree named.value → result ≡ Some named.value }
+    ensures stands { IfSome result (λ value.
+        (IsDefined ctx.now.tree named.value → ⊥) → StandsThere ctx.now.tree named.witness value) }
 {
     if named.value.is_live(ctx) {
         return Some(named.value);
     }
     match named.witness {
-        Some(witness) => witnessed(witness, sheet, ctx),
+        Some(witness) => value_at(witness, sheet, ctx),
         None => None,
     }
 }

@@ -10,5 +10,5 @@ abbrev pub KeepsNotes : {T : Type 0} → List (Option T) → List (Option T) →
 KeepsNotes {T = T} old new = (number : ℕ) (note : T) → note_at old number ≡ Some note → note_at new number ≡ Some note
 
 -- what has a number keeps it
-abbrev pub KeepsNumbers : {T : Type 0} → List T → List T → Type 0
-KeepsNumbers {T = T} old new = (number : ℕ) (one : T) → slice_get old number ≡ Some one → slice_get new number ≡ Some one
+abbrev pub KeepsPlaces : {T : Type 0} → List T → List T → Type 0
+KeepsPlaces {T = T} old new = (number : ℕ) (one : T) → slice_get old number ≡ Some one → slice_get new number ≡ Some one

@@ -40,7 +40,7 @@ pub struct WitnessNote {
 /// A value that a record names.
 #[doc(hidden)]
 #[derive(Clone, Copy, Debug, Drop)]
-pub struct NamedNote {
+pub struct RecordedValue {
     pub value: Value,
     pub witness: Option<WitnessNote>,
 }
@@ -67,7 +67,7 @@ pub struct DebugSheet {
     operations: Vec<Option<OperationNote>>,
     records: Vec<RecordNote>,
     /// The values that records name.
-    named: Vec<NamedNote>,
+    named: Vec<RecordedValue>,
     /// The first operations of blocks.
     firsts: Vec<Option<Ptr<Operation>>>,
     /// The numbers of the texts of arguments' locations.
@@ -151,7 +151,7 @@ impl DebugSheet {
     }
 
     /// Adds a value that a record names. Errors: allocation failure. Cost: constant, amortised.
-    pub fn push_named(&mut self, named: NamedNote) -> Result<(), AllocError>
+    pub fn push_named(&mut self, named: RecordedValue) -> Result<(), AllocError>
         ensures added { OnOk result (named_notes self.new ≡ named_notes self.old ++ named ∷ []) }
         ensures kept { KeepsDebug self.old self.new }
     {
@@ -159,7 +159,7 @@ impl DebugSheet {
     }
 
     /// The value of this number that a record names, if there is one. Cost: constant.
-    pub fn named(&self, number: usize) -> Option<NamedNote>
+    pub fn value_named(&self, number: usize) -> Option<RecordedValue>
         ensures { result ≡ slice_get (named_notes self.now) number }
     {
         self.named.get(number).copied()

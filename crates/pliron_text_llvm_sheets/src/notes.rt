@@ -1,6 +1,6 @@
 //! Notes by numbers.
 ghost use Rattle.std.specs.Prelude.{◌≡◌, ◌++◌, ◌∷◌, [], Some, unwrap_or, OnOk};
-ghost use Rattle.pliron_text_llvm_sheets.specs.Notes.{note_at, KeepsNotes, KeepsNumbers};
+ghost use Rattle.pliron_text_llvm_sheets.specs.Notes.{note_at, KeepsNotes, KeepsPlaces};
 
 use std::alloc::AllocError;
 
@@ -27,7 +27,7 @@ pub fn put_note<T: Copy + Drop>(
 /// Adds the note. Errors: allocation failure. Cost: constant, amortised.
 pub fn push_note<T: Copy + Drop>(notes: &mut Vec<T>, note: T) -> Result<(), AllocError>
     ensures added { OnOk result (notes.new.items ≡ notes.old.items ++ note ∷ []) }
-    ensures kept { KeepsNumbers notes.old.items notes.new.items }
+    ensures kept { KeepsPlaces notes.old.items notes.new.items }
 {
     notes.push(note)?;
     Ok(())
