@@ -8,8 +8,8 @@ mod closed;
 mod failure;
 mod kept;
 mod notation;
-mod sheets;
 mod other_form;
+mod sheets;
 
 pub use closed::ClosedText;
 pub use failure::{ExpectedInModule, LlvmFailure, LlvmTextFault};

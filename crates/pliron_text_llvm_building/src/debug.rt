@@ -7,7 +7,7 @@ use crate::stop::{BuildStop, no_value};
 use crate::witnesses::Witnesses;
 use pliron_core::{Operation, Ptr};
 use pliron_text_llvm_plans::{FunctionPlan, OperationPlan, PlannedRecord, PlannedValue};
-use pliron_text_llvm_sheets::{LlvmSheet, RecordedValue, OperationNote, RecordNote, has_scope};
+use pliron_text_llvm_sheets::{LlvmSheet, OperationNote, RecordNote, RecordedValue, has_scope};
 use std::alloc::AllocError;
 
 /// What is read to note debug records and locations.

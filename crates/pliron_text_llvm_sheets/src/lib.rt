@@ -9,6 +9,6 @@ mod scopes;
 mod sheet;
 
 pub use constants::{ConstantTable, TextConstant};
-pub use debug::{DebugSheet, LocationNote, RecordedValue, OperationNote, RecordNote, WitnessNote};
+pub use debug::{DebugSheet, LocationNote, OperationNote, RecordNote, RecordedValue, WitnessNote};
 pub use scopes::{has_scope, scope_of_header};
 pub use sheet::{LlvmSheet, ValueNote, ValueOrigin};
