@@ -430,19 +430,25 @@ fn write_function(
     Ok(out.push(b'}')?)
 }
 
+/// The blocks of a function, and those whose addresses are taken.
+#[derive(Clone, Copy)]
+struct PrintedBlocks<'b> {
+    live: &'b [Ptr<BasicBlock>],
+    taken: &'b [TakenBlock],
+}
+
 // The text of the blocks of the function, by new numbers, and of those that are gone.
 fn text_of_blocks(
     alloc: Global,
     root: Ptr<Operation>,
-    blocks: &[Ptr<BasicBlock>],
-    taken: &[TakenBlock],
+    blocks: PrintedBlocks<'_>,
     sheet: &LlvmSheet,
     ctx: &Context,
     body: &mut Vec<u8>,
 ) -> Result<(), PrintStop> {
-    let edges = edges_between(alloc, blocks, sheet, ctx)?;
+    let edges = edges_between(alloc, blocks.live, sheet, ctx)?;
     let mut numbers = LocalNumbers::new(alloc);
-    match numbers.add_all(blocks, sheet, ctx) {
+    match numbers.add_all(blocks.live, sheet, ctx) {
         Ok(()) => {
             let header = form_text(root, sheet, ctx).unwrap_or(&[]);
             let view = FunctionView {
@@ -453,8 +459,8 @@ fn text_of_blocks(
                 scope: scope_of_header(header),
                 ctx,
             };
-            view.write_blocks(blocks, body)?;
-            view.write_all_gone(taken, body)
+            view.write_blocks(blocks.live, body)?;
+            view.write_all_gone(blocks.taken, body)
         }
         Err(stop) => Err(stop),
     }
@@ -477,9 +483,10 @@ pub fn print_function(
 ) -> Result<(), PrintStop>
     ensures { OnOk result (AppendsFunction sheet.now ctx.now.tree root out.old.items out.new.items) }
 {
-    let blocks = blocks_of(alloc, root, ctx)?;
+    let live = blocks_of(alloc, root, ctx)?;
+    let blocks = PrintedBlocks { live: &live, taken };
     let mut body = Vec::new(alloc);
-    match text_of_blocks(alloc, root, &blocks, taken, sheet, ctx, &mut body) {
+    match text_of_blocks(alloc, root, blocks, sheet, ctx, &mut body) {
         Ok(()) => write_function(root, &body, sheet, ctx, out),
         Err(stop) => Err(stop),
     }
