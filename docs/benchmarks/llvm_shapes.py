@@ -179,7 +179,7 @@ def rings(n):
 
 
 SHAPES = {
-    "switch": (switch, 5_000), "passing_switch": (passing_switch, 1_000), "spread_switch": (spread_switch, 3_000), "row": (row, 4_000),
+    "switch": (switch, 5_000), "passing_switch": (passing_switch, 250), "spread_switch": (spread_switch, 3_000), "row": (row, 4_000),
     "predecessors": (predecessors, 3_000), "phis": (phis, 3_000), "uses": (uses, 10_000), "late": (late, 10_000), "brackets": (brackets, 20_000),
     "types": (types, 20_000), "string": (string, 1_000_000), "name": (name, 200_000), "names": (names, 10_000), "sums": (sums, 5_000), "constants": (constants, 4_000),
     "metadata": (metadata, 20_000), "functions": (functions, 3_000), "declarations": (declarations, 20_000), "invokes": (invokes, 4_000), "given": (given, 3_000),
